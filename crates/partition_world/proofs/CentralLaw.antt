@@ -183,7 +183,7 @@ module _ {D S M : Type 0} (disk : DiskGhosts D) (store : StoreGhosts S) (meta : 
           record {
             recorded = up;
             way = λ on end z is.
-                (let o = on_way p c.plain t.order.broker.0 y z s order g st (record { run = k.stands; recorded = k.joined refl }) on end is in
+                (let o = on_way p c.plain t.order.broker.0 y z s order g st (record { run = k.stands; recorded = k.joined refl; up = up }) on end is in
                 record { leads = record { consecutive = o.whole.consecutive; ends = o.whole.ends }; begins = o.whole.begins; line = o.line });
             leader = there;
           }

@@ -31,11 +31,7 @@ pub(crate) fn copy(recorded: Option<&PlainSnapshot>, answer: &Answer) -> bool
 }
 
 /// What a trim that gets this answer changes.
-pub(crate) fn trim(
-    x: &Broker,
-    recorded: Option<&PlainSnapshot>,
-    answer: &Answer,
-) -> Option<Change>
+pub(crate) fn trim(x: &Broker, recorded: Option<&PlainSnapshot>, answer: &Answer) -> Option<Change>
     ensures { (p : StateIs) (b : ℕ) (s : Replica) (command : Command)
         → trim_row p b x.now (option_copied recorded.entry) answer.now
         ≡ option_map (changed p b x.now s command) result }
@@ -59,11 +55,7 @@ fn is_late(p: &State, recorded: &PlainSnapshot) -> bool
 }
 
 /// What an expiry that gets this answer changes.
-pub(crate) fn expire(
-    p: &State,
-    recorded: Option<&PlainSnapshot>,
-    answer: &Answer,
-) -> Option<Change>
+pub(crate) fn expire(p: &State, recorded: Option<&PlainSnapshot>, answer: &Answer) -> Option<Change>
     ensures { (b : ℕ) (x : BrokerIs) (s : Replica) (command : Command)
         → expire_row p.now (option_copied recorded.entry) answer.now
         ≡ option_map (changed p.now b x s command) result }

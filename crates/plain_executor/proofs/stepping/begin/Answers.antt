@@ -20,9 +20,9 @@ returns-then-is_some-clause-ok c = λ x s bx rs.
     let b = c.args.order.now.broker.0 in
     let same : c.get-x.result.now ≡ x = cc (c.get-x.ensures, bx) in
     let there : is_some (refusal_at c.args.p.now b c.get-x.result.now None c.args.order.now.command) ≡ true =
-        subst (λ (o : Option Answer). is_some o ≡ true) c.refused.ensures (sym c.is_some.ensures ∙ c.if-is_some.true) in
+    subst (λ (o : Option Answer). is_some o ≡ true) c.refused.ensures (sym c.is_some.ensures ∙ c.if-is_some.true) in
     let here : is_some (refusal_at c.args.p.now b x None c.args.order.now.command) ≡ true =
-        subst (λ (z : Broker). is_some (refusal_at c.args.p.now b z None c.args.order.now.command) ≡ true) same there in
+    subst (λ (z : Broker). is_some (refusal_at c.args.p.now b z None c.args.order.now.command) ≡ true) same there in
     (not_begun c.args.p.now c.args.id.0 c.args.order.now x s (actor_at c.args.p.now.actors c.args.id.0) c.args.cut here, refl)
 
 pub returns-clause-ok : goal.returns-clause-ok
@@ -31,7 +31,7 @@ returns-clause-ok c = λ x s bx rs.
     let same : now ≡ x = cc (c.get-x.ensures, bx) in
     let none = none_is (actor_at c.args.p.now.actors c.args.id.0).snapshot (sym c.has_begun.ensures ∙ c.if-has_begun.false) in
     let free : refusal_at c.args.p.now c.args.order.now.broker.0 now None c.args.order.now.command ≡ None =
-        none_is _ (subst (λ (o : Option Answer). is_some o ≡ false) c.refused.ensures (sym c.is_some.ensures ∙ c.if-is_some.false)) in
+    none_is _ (subst (λ (o : Option Answer). is_some o ≡ false) c.refused.ensures (sym c.is_some.ensures ∙ c.if-is_some.false)) in
     let beg = c.beginning.ensures.is ∙ ap (option_map (begun_at now)) c.in-Some.is in
     let few = c.in-Some.ensures in
     let recorded = c.in_ok-recorded.ensures in
