@@ -113,7 +113,7 @@ module _ {S M : Type 0} (store : StoreGhosts S) (meta : MetaGhosts M) (asked : A
 
   index_ends : (cursor from : ℕ) (piece : Piece) (view : View) (answer : Answer) (cache cache' : Cache) (old new : S)
       → SearchIndexRow store.content store.control asked cursor piece from view (Ok (Ends answer)) cache cache' old new → MayEnd answer
-  index_ends cursor from piece view answer cache cache' old new (inl (low, is, same)) = absurd (cc (is))
+  index_ends cursor from piece view answer cache cache' old new (inl (low, is, kept, same)) = absurd (cc (is))
   index_ends cursor from piece view answer cache cache' old new (inr (high, (read, row, k))) = indexes_ends cursor from piece answer read k
 
   log_ends : (from : ℕ) (piece : Piece) (span : Span) (view : View) (answer : Answer) (old new : S)
@@ -226,7 +226,7 @@ module _ {S M : Type 0} (store : StoreGhosts S) (meta : MetaGhosts M) (asked : A
       → new ≡ record old { cache = new.cache; store = new.store }
       → SearchIndexRow store.content store.control asked cursor piece from old.view (Err e) old.cache new.cache old.store new.store
       → Dries store meta old new
-  index_dry cursor from piece e old new same (inl (low, is, stays)) = absurd (cc (is))
+  index_dry cursor from piece e old new same (inl (low, is, kept, stays)) = absurd (cc (is))
   index_dry cursor from piece e old new same (inr (high, (read, row, k))) = indexes_dry cursor from piece e read old new (same, row) k
 
   log_dry : (from : ℕ) (piece : Piece) (span : Span) (e : AllocError) (old new : Tiers S M) → new ≡ record old { store = new.store }

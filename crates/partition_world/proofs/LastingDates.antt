@@ -28,7 +28,7 @@ use Rattle.time_find.specs.Passing.{Seeks}
 use Rattle.time_find.specs.Turns.{IsSearched, TimesBytes, Times, Indexes, SearchTakes, SeekRow, TimesRow, TimeRow, wanted_at}
 use Rattle.time_find.proofs.Outcomes.{store_left, cache_left}
 use Rattle.plain_log.specs.declared.answer.Answer.{Answer}
-use Rattle.plain_log.specs.declared.answer.Answer.TheVariants.{MetaFault, Damaged, Run, Offset}
+use Rattle.plain_log.specs.declared.answer.Answer.TheVariants.{MetaFault, StoreFault, Damaged, Run, Offset}
 use Rattle.plain_log.specs.declared.answer.Place.TheVariants.{Meta}
 use Rattle.plain_log.specs.declared.answer.Tier.TheVariants.{Remote}
 use Rattle.partition_world.specs.ActorStates.{date_outcome}
